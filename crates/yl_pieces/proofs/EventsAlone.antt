@@ -21,13 +21,13 @@ use Rattle.yl_pieces.proofs.EventsNamed.{IsWithin}
 -- ---- an event by the lexeme at its place
 
 -- the lexeme at the place, if there is a place
-abbrev looked_up : List LexemeValue → Option ℕ → Option (Option LexemeValue)
+abbrev pub looked_up : List LexemeValue → Option ℕ → Option (Option LexemeValue)
 looked_up xs place = option_map (slice_get xs) place
 
-abbrev value_there : Option (Option LexemeValue) → List ℕ
+abbrev pub value_there : Option (Option LexemeValue) → List ℕ
 value_there x = option_map_or value_of x []
 
-abbrev kind_with : Shape → List ℕ → EventKindValue
+abbrev pub kind_with : Shape → List ℕ → EventKindValue
 kind_with shape.DocumentStart v = DocumentStart
 kind_with shape.DocumentEnd v = DocumentEnd
 kind_with shape.SequenceStart v = SequenceStart
@@ -38,10 +38,10 @@ kind_with shape.Alias v = AliasOf v
 kind_with (shape.Scalar style) v = ScalarOf style v
 kind_with shape.Empty v = Empty
 
-abbrev event_with : EventKindValue → Option Pos → Bool → EventValue
+abbrev pub event_with : EventKindValue → Option Pos → Bool → EventValue
 event_with kind place is_tagged = record { kind = kind; place = place; anchor = None; is_tagged = is_tagged }
 
-abbrev event_there : Outline → Option (Option LexemeValue) → EventValue
+abbrev pub event_there : Outline → Option (Option LexemeValue) → EventValue
 event_there o x = event_with (kind_with o.kind (value_there x)) (option_map start_of x) o.is_tagged
 
 kind_is : (xs : List LexemeValue) (kind : Shape) (place : Option ℕ) → kind_of xs kind place ≡ kind_with kind (content_value xs place)
@@ -61,7 +61,7 @@ by_place : (xs : List LexemeValue) (kind : Shape) (is_tagged : Bool) (place : Op
 by_place xs kind is_tagged None = refl
 by_place xs kind is_tagged (Some i) = refl
 
-alone_is : (xs : List LexemeValue) (o : Outline) → event_alone xs o ≡ event_there o (looked_up xs o.place)
+pub alone_is : (xs : List LexemeValue) (o : Outline) → event_alone xs o ≡ event_there o (looked_up xs o.place)
 alone_is xs o =
     ap (λ (k : EventKindValue). event_with k (option_map (start_at xs) o.place) o.is_tagged) (kind_is xs o.kind o.place) ∙ by_place xs o.kind o.is_tagged o.place
 

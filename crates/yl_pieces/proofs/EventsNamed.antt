@@ -38,7 +38,7 @@ module _ (Is Other : ℕ → Type 0) (f : (i : ℕ) → Other i → Is i) where
   symbol_named Close h = tt
   symbol_named (One kind i) h = f i h
 
-  more_named : (ws : List Symbol) → SymbolsName Other ws → SymbolsName Is ws
+  pub more_named : (ws : List Symbol) → SymbolsName Other ws → SymbolsName Is ws
   more_named [] h = tt
   more_named (w ∷ ws) h = (symbol_named w h.0, more_named ws h.1)
 
@@ -110,7 +110,7 @@ outlines_within n (o ∷ os) e =
     let later : bare_events (moved n) os ≡ bare_events same os = cc in
     (place_within n o.place (ap (λ (p : Outline). p.place) here), outlines_within n os later)
 
-told_bare : (f : ℕ → ℕ) (r : Option ParserState) → outlines_told (bare_state f r) ≡ bare_events f (outlines_told r)
+pub told_bare : (f : ℕ → ℕ) (r : Option ParserState) → outlines_told (bare_state f r) ≡ bare_events f (outlines_told r)
 told_bare f None = refl
 told_bare f (Some t) = refl
 

@@ -74,7 +74,7 @@ told_both ws vs goals t u e f =
 
 -- ---- the same symbols after a state
 
-shape_told : (n : ℕ) (r : Option ParserState) → outlines_told (steps_after n (steps_shape r)) ≡ map (outline_after n) (map outline_shape (outlines_told r))
+pub shape_told : (n : ℕ) (r : Option ParserState) → outlines_told (steps_after n (steps_shape r)) ≡ map (outline_after n) (map outline_shape (outlines_told r))
 shape_told n None = refl
 shape_told n (Some s) = refl
 

@@ -26,6 +26,7 @@ pub mod Within
 pub mod PatchedLists
 pub mod ToldPatched
 pub mod EventsNamed
+pub mod OutlinePlaces
 pub mod EventsAlone
 pub mod EventsSteps
 pub mod EventsBelow
@@ -38,6 +39,7 @@ pub mod PieceAlike
 pub mod PieceJudging
 pub mod PieceStops
 pub mod PieceEnds
+pub mod EventsOfRow
 pub mod PieceMore
 pub mod OneSectionSymbols
 pub mod OneSectionKinds

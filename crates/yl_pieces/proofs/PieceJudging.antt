@@ -161,7 +161,7 @@ module _ {A : Type 0} (config : Config) (m : Machines) (rs : List RecordValue) (
     begins : BeginIn at ys
     begins = subst (BeginIn at) (sym are) (placed_here at r.entry.lexemes)
 
-    before_len : length (lexemes_by m rs) ≡ k.marks.count
+    pub before_len : length (lexemes_by m rs) ≡ k.marks.count
     before_len = omega (arith, length-append (replicate m.marker.marks.count any_lexeme) lexemes_above, length-replicate m.marker.marks.count any_lexeme, h.count)
 
     line_there : facts.IsLine (tokens_by m all) k.marks.count ts
@@ -205,10 +205,10 @@ module _ {A : Type 0} (config : Config) (m : Machines) (rs : List RecordValue) (
   same_rows : (more : List RecordValue) → rows ++ more ≡ rs ++ r ∷ more
   same_rows more = append_assoc rs (r ∷ []) more
 
-  symbols_here : symbols_by m rows ≡ above ++ here
+  pub symbols_here : symbols_by m rows ≡ above ++ here
   symbols_here = symbols_all [] ∙ ap (λ (ws : List Symbol). above ++ ws) (append-nil here)
 
-  lexemes_here : lexemes_from 1 rows ≡ lexemes_above ++ ys
+  pub lexemes_here : lexemes_from 1 rows ≡ lexemes_above ++ ys
   lexemes_here = whole [] ∙ ap (λ (zs : List LexemeValue). lexemes_above ++ zs) (append-nil ys)
 
   keys_here : facts_by_lines m.marker (lines_of rows) ≡ keys_above ++ facts_of_line k ts
@@ -226,7 +226,7 @@ module _ {A : Type 0} (config : Config) (m : Machines) (rs : List RecordValue) (
   version_there v rest e = h.version v (ys ++ rest) (subst (λ (zs : List LexemeValue). IsVersion v m.lexemes zs) (lexemes_with rest) e)
 
   module _ (e : RowJudge A) (spaces : ℕ) (spaces_is : spaces ≡ r.indentation) (j : JudgesRow d ys spaces None e) where
-    count_here : e.reader.marker.marks.count ≡ k.marks.count + length ys
+    pub count_here : e.reader.marker.marks.count ≡ k.marks.count + length ys
     count_here = ap (λ (i : KeyMarkerValue). i.marks.count) j.marker ∙ omega (arith, long)
 
     fails_here : (after : List Symbol) (f : PlacedParseFault) → outcome_of_symbols e.reader.parser e.reader.marker.marks.count [] after ≡ Fails f

@@ -78,6 +78,10 @@ module _ {A : Type 0} (config : Config) (s : DocumentState) (rs : List RecordVal
   has_stopped some (inl h) = let no : false ≡ true = sym (ap is_some h.none) ∙ some in absurd (cc)
   has_stopped some (inr h) = h
 
+  pub fault_held : JudgesRows config s rs j → is_some j.fault ≡ is_some (fault_in s 1 rs)
+  fault_held (inl h) = ap is_some h.none ∙ sym (ap is_some (none_there config s h.rows.from h.rows.go_on rs j.rows h.rows.read))
+  fault_held (inr h) = ap is_some h.stopped ∙ sym (ap is_some (ap (λ (es : List RecordValue). fault_in s 1 es) (sym (append-nil rs)) ∙ h.there []))
+
   -- ---- the state after the rows
 
   pub no_state : HasStopped config s rs j → None ≡ unless_fault (fault_in s 1 rs) (state_after s 1 rs)

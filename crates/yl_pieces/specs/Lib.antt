@@ -14,3 +14,4 @@ pub mod Fault
 pub mod Piece
 pub mod OneSection
 pub mod SectionEdited
+pub mod RowEvents

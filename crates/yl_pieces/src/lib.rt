@@ -17,6 +17,7 @@ mod ordering;
 mod patched;
 mod piece;
 mod references;
+mod row_events;
 mod section_edited;
 mod told_below;
 
@@ -31,5 +32,6 @@ pub use ordering::ordering_of_runs;
 pub use patched::told_is_patched;
 pub use piece::{Piece, PieceFault, PieceJudge};
 pub use references::{anchors_are_lexemes, references_are_lexemes};
+pub use row_events::RowEvents;
 pub use section_edited::{section_is_edited, section_is_replaced};
 pub use told_below::{rows_are_told_below, start_is_told_below};

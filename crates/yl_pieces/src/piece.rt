@@ -1,5 +1,5 @@
 //! Judges a run of rows of a document from the state before it.
-ghost use Rattle.std.specs.Prelude.{◌≡◌, ◌+◌, ◌++◌, ◌∷◌, [], List, length, IfOk, OnOk};
+ghost use Rattle.std.specs.Prelude.{◌≡◌, ◌+◌, ◌++◌, ◌∷◌, [], List, length, is_some, IfOk, OnOk};
 ghost use Rattle.std.specs.Option.{option_map};
 ghost use Rattle.yl_config.specs.declared.config.Config.{Config};
 ghost use Rattle.yl_record.specs.Records.{RecordValue};
@@ -7,12 +7,14 @@ ghost use Rattle.yl_pieces.specs.State as state;
 ghost use Rattle.yl_pieces.specs.Told.{fault_in, state_after, told};
 ghost use Rattle.yl_pieces.specs.Fault.{fault_value};
 ghost use Rattle.yl_pieces.specs.Piece.{GoOnFrom, HasRead, IsAfter, JudgesRows, Machines, unless_fault};
+ghost use Rattle.yl_pieces.specs.RowEvents.{TellsEvents, TellsRow, events_at, events_held, outlines_held};
 
 use crate::comments::PieceComments;
+use crate::row_events::RowEvents;
 use std::alloc::{AllocError, Allocator};
 use std::marker::Model;
 use yl_config::Config;
-use yl_events::ParseFault;
+use yl_events::{LineLexemes, Outline, ParseFault};
 use yl_indentation::Fact;
 use yl_marks::RowLexemes;
 use yl_record::Record;
@@ -76,8 +78,10 @@ fn read_row<A: Allocator + Copy>(
     line: u32,
     row: &Record<A>,
 ) -> Result<Option<PieceFault>, AllocError>
-    ensures { (config : Config) (s : state.DocumentState) (m : Machines) (rs : List RecordValue)
+    ensures judged { (config : Config) (s : state.DocumentState) (m : Machines) (rs : List RecordValue)
         → line ≡ 1 + length rs → GoOnFrom s m → HasRead config m rs rows.old → IfOk result (λ fault. IsAfter fault config s m rs row.now rows.new) }
+    ensures events { (config : Config) (s : state.DocumentState) (m : Machines) (rs : List RecordValue)
+        → line ≡ 1 + length rs → GoOnFrom s m → HasRead config m rs rows.old → IfOk result (λ fault. fault ≡ None → TellsEvents s rs row.now (events_at line row.now rows.new)) }
 {
     if row.lexemes().is_empty() {
         return Ok(None);
@@ -94,6 +98,17 @@ fn read_row<A: Allocator + Copy>(
         place: start_of(&lexemes, index),
         kind: fault.kind,
     }))
+}
+
+/// Returns the outlines of this row, which must be the latest one that was read, if it has lexemes.
+fn outlines_of<'n, A: Allocator + Copy>(rows: &'n RowJudge<A>, row: &Record<A>) -> &'n [Outline]
+    ensures { result.now ≡ outlines_held row.now rows.now }
+{
+    if row.lexemes().is_empty() {
+        &[]
+    } else {
+        rows.outlines()
+    }
 }
 
 /// A judge of a run of rows of a document, from the state before it.
@@ -131,8 +146,10 @@ impl<A: Allocator + Copy> PieceJudge<A> {
     /// is out of memory, or more rows or lexemes than a `u32` counts. After an error the judge must
     /// not be used.
     pub fn read(&mut self, row: &Record<A>) -> Result<(), AllocError>
-        ensures { (config : Config) (s : state.DocumentState) (rs : List RecordValue)
+        ensures judged { (config : Config) (s : state.DocumentState) (rs : List RecordValue)
             → JudgesRows config s rs self.old → OnOk result (JudgesRows config s (rs ++ row.now ∷ []) self.new) }
+        ensures events { (config : Config) (s : state.DocumentState) (rs : List RecordValue)
+            → JudgesRows config s rs self.old → OnOk result (TellsRow s rs row.now self.new) }
     {
         if self.fault.is_some() {
             return Ok(());
@@ -148,6 +165,31 @@ impl<A: Allocator + Copy> PieceJudge<A> {
         self.comments.read(line, row)?;
         self.line = next;
         Ok(())
+    }
+
+    /// Returns whether there is a fault at a lexeme of the rows.
+    pub fn has_fault(&self) -> bool
+        ensures { (config : Config) (s : state.DocumentState) (rs : List RecordValue)
+            → JudgesRows config s rs self.now → result ≡ is_some (fault_in s 1 rs) }
+    {
+        self.fault.is_some()
+    }
+
+    /// Returns the events of the latest row that was read, which must be this row. If no row has a
+    /// fault, they are those of the row, but for an anchor of an earlier row whose node begins in
+    /// this one: its name is empty. Does not allocate.
+    pub fn events<'n>(&'n self, row: &'n Record<A>) -> RowEvents<'n, A>
+        ensures { result ≡ events_held row.now self.now }
+    {
+        let lexemes = RowLexemes {
+            line: self.line.saturating_sub(1),
+            lexemes: row.lexemes(),
+        };
+        let first = self.rows.count().saturating_sub(row.lexemes().len());
+        RowEvents::new(
+            LineLexemes::new(&lexemes, first, None),
+            outlines_of(&self.rows, row),
+        )
     }
 
     /// Returns the state after the rows, or `None` if they have a fault. The only error is out of
