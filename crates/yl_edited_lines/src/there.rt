@@ -26,7 +26,7 @@ pub struct Ends {
 /// Appends the findings in a section that begins at `line`. Its indentation is judged by the facts
 /// before it, which have the measure `before`, and by its own facts. The only error is out of
 /// memory.
-fn push_onward<A: Allocator + Copy>(
+fn push_section_onward<A: Allocator + Copy>(
     alloc: A,
     options: &IndentationOptions,
     line: u32,
@@ -58,7 +58,7 @@ fn push_sections<A: Allocator + Copy>(
     let mut line = down;
     let mut here = before;
     for one in kept {
-        push_onward(alloc, options, line, here, one, found)?;
+        push_section_onward(alloc, options, line, here, one, found)?;
         line = line_below(line, one.rows())?;
         here = here.and_later(one.measure());
     }

@@ -24,7 +24,7 @@ use yl_text::Finding;
 /// Appends the findings of the rule indentation in a section that begins at `line`. Judges them by
 /// the facts before the section, which have the measure `before`, and by its own facts. The only
 /// error is out of memory.
-fn push_onward<A: Allocator + Copy>(
+fn push_indentation_onward<A: Allocator + Copy>(
     alloc: A,
     options: &IndentationOptions,
     line: u32,
@@ -59,7 +59,7 @@ fn find_from<A: Allocator + Copy>(
     let mut here = before;
     for i in end..kept.len() {
         let one = kept.get(i);
-        push_onward(alloc, options, line, here, one, &mut found)?;
+        push_indentation_onward(alloc, options, line, here, one, &mut found)?;
         line = line_below(line, one.rows())?;
         here = here.and_later(one.measure());
     }

@@ -12,8 +12,8 @@ loop-i-preserved g c =
     let o = c.args.options.now in
     let k = c.get-one.result.now in
     let later = c.and_later-here.ensures ∙ ap (and_later c.loop-i.here) c.measure.ensures in (
-      pushed_again o c.loop-i.line c.in_ok-line.line c.loop-i.here c.and_later-here.result c.loop-i.found.items c.push_onward.new.found.items (indentation_in_sections o c.args.first c.args.before (drop c.args.end ks)) ks c.loop-i.i k
-          (omega (arith, c.loop-i-test.true, c.len-i-end.ensures)) (got ks c.loop-i.i k c.get-one.ensures) (omega (arith, c.in_ok-line.ensures, c.rows.ensures)) later c.in_ok-push_onward.ensures c.loop-i.invariant.0,
+      pushed_again o c.loop-i.line c.in_ok-line.line c.loop-i.here c.and_later-here.result c.loop-i.found.items c.push_indentation_onward.new.found.items (indentation_in_sections o c.args.first c.args.before (drop c.args.end ks)) ks c.loop-i.i k
+          (omega (arith, c.loop-i-test.true, c.len-i-end.ensures)) (got ks c.loop-i.i k c.get-one.ensures) (omega (arith, c.in_ok-line.ensures, c.rows.ensures)) later c.in_ok-push_indentation_onward.ensures c.loop-i.invariant.0,
       counts_more c.loop-i.here c.measure.result c.and_later-here.result k.facts c.and_later-here.ensures c.measure.ensures c.loop-i.invariant.1,
     )
 

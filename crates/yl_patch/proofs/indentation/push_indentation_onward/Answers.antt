@@ -6,7 +6,7 @@ use Rattle.yl_indentation.specs.Measures.{and_later}
 use Rattle.yl_indentation.specs.Problems.{indent_problems}
 use Rattle.yl_indentation.proofs.Onward.{problems_of_these}
 use Rattle.yl_lint.specs.TextReport.{moved}
-use Rattle.yl_patch.proofs.indentation.push_onward.Goals as goal
+use Rattle.yl_patch.proofs.indentation.push_indentation_onward.Goals as goal
 
 pub returns : goal.returns
 returns g c =

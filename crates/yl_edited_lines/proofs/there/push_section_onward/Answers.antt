@@ -3,7 +3,7 @@ use Rattle.std.proofs.lemmas.Result.{on_ok_weaker}
 use Rattle.yl_text.specs.Finding.{FindingValue}
 use Rattle.yl_indentation.specs.Measures.{and_later}
 use Rattle.yl_edited_lines.proofs.Pushed.{section_onward}
-use Rattle.yl_edited_lines.proofs.there.push_onward.Goals as goal
+use Rattle.yl_edited_lines.proofs.there.push_section_onward.Goals as goal
 
 pub returns : goal.returns
 returns g c =
