@@ -1,9 +1,8 @@
 -- Rows that are recorded one after another, and records that move on from a sound row.
-use Rattle.std.proofs.Common.{◌≡◌, ℕ, ◌+◌, ◌-◌, ◌<◌, ◌≤◌, true, false, Bor, map, List, [], ◌∷◌, ◌++◌, length, take, drop, Option, Some, None, refl, ap, sym, ◌∙◌, subst, arith, rules}
+use Rattle.std.proofs.Common.{◌≡◌, ℕ, ◌+◌, ◌-◌, ◌<◌, ◌≤◌, true, false, List, [], ◌∷◌, ◌++◌, length, take, drop, Option, Some, None, refl, ap, sym, ◌∙◌, subst, arith, rules}
 use Rattle.std.specs.Prelude.{slice_get}
 use Rattle.std.specs.Str.{chars}
-use Rattle.std.proofs.lemmas.List.{same_lists, places, length-take-le, map-append, take-append-drop, take_more}
-use Rattle.std.proofs.lemmas.Option.{get_or_from_slice_get, slice_get_within}
+use Rattle.std.proofs.lemmas.List.{same_lists, places, length-take-le, take-append-drop}
 use Rattle.std.proofs.Math.ListN.{drop_of_length-le}
 use Rattle.yl_text.specs.Lines.{RowValue}
 use Rattle.yl_lexeme.specs.Known.{no_surroundings}
@@ -24,15 +23,6 @@ use Rattle.yl_session.specs.Reading.{IsReadTo}
 
 two_parts : {X : Type 0} (xs : List X) (m i : ℕ) → m ≤ i → take m xs ++ take (i - m) (drop m xs) ≡ take i xs
 two_parts xs m i l = same_lists _ _ (search (rules, places)) (λ k d h. grind (arith, places))
-
--- an item more was lent
-pub lent_more : {T : Type 0} (xs new : List (Bor T)) (es : List T) (i : ℕ) (r : Bor T) → new ≡ xs ++ r ∷ [] → map (λ (b : Bor T). b.now) xs ≡ take i es → slice_get es i ≡ Some r.now
-    → map (λ (b : Bor T). b.now) new ≡ take (i + 1) es
-lent_more {T} xs new es i r is before at =
-    let l : i < length es = slice_get_within es i r.now at in
-    let more : take (i + 1) es ≡ take i es ++ r.now ∷ [] = take_more es i r.now l ∙ ap (λ (e : T). take i es ++ e ∷ []) (get_or_from_slice_get es i r.now r.now at) in
-    ap (λ (ys : List (Bor T)). map (λ (b : Bor T). b.now) ys) is
-    ∙ (map-append (λ (b : Bor T). b.now) xs (r ∷ []) ∙ (ap (λ (ys : List T). ys ++ r.now ∷ []) before ∙ sym more))
 
 -- ---- rows
 

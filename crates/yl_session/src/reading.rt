@@ -16,7 +16,7 @@ use yl_chunks::Chunks;
 use yl_config::Config;
 use yl_lexeme::Meter;
 use yl_record::{Record, Recorder};
-use yl_sections::{Kept, judge_all};
+use yl_sections::{Kept, SectionsJudge};
 use yl_text::{Lines, rows_fit};
 
 /// The minimum number of records that move into chunks at once, except at the end of the text.
@@ -106,32 +106,20 @@ fn records_of_lines<L: Lines>(
     Ok(records)
 }
 
-/// Returns references to the items. The only error is out of memory.
-fn lent<T: Drop, A: Allocator + Copy>(
-    alloc: A,
-    items: &Chunks<T, A>,
-) -> Result<Vec<&T, A>, AllocError>
-    ensures items { IfOk result (λ v. map (λ x. x.now) v.items ≡ items.now.items) }
-    ensures len { IfOk result (λ v. length v.items ≡ length items.now.items) }
-{
-    let mut all = Vec::with_capacity(alloc, items.len())?;
-    for i in 0..items.len() {
-        all.push(items.get(i))?;
-    }
-    Ok(all)
-}
-
 /// Returns the summary of each section of these records. The only error is out of memory.
 fn kept_of_records<A: Allocator + Copy>(
     alloc: A,
     config: &Config,
     records: &Chunks<Record<A>, A>,
 ) -> Result<Vec<Kept<A>, A>, AllocError>
-    requires { length records.now.items < 2 ^ 30 }
     ensures { IfOk result (λ v. v.items ≡ map (kept_of_section config.now) (sections records.now.items)) }
 {
     let mut meter = Meter::new();
-    judge_all(alloc, config, &lent(alloc, records)?, &mut meter)
+    let mut judge = SectionsJudge::new(alloc);
+    for i in 0..records.len() {
+        judge.read(config, records.get(i), &mut meter)?;
+    }
+    judge.finish(config)
 }
 
 /// Returns the records of these lines and the summaries of their sections. The only error is out of
