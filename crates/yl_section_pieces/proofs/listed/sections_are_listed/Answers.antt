@@ -1,0 +1,5 @@
+use Rattle.yl_section_pieces.proofs.Sections as laws
+use Rattle.yl_section_pieces.proofs.listed.sections_are_listed.Goals as goal
+
+pub returns : goal.returns
+returns c = laws.sections_are_listed
