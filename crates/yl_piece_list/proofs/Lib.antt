@@ -1,0 +1,9 @@
+pub mod Starts
+pub mod Flat
+pub mod Sound
+pub mod RowRuns
+pub mod OnePiece
+pub mod TwoLists
+pub mod SectionsCut
+pub mod Typed
+pub mod NextPiece

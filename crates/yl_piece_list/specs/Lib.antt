@@ -1,0 +1,3 @@
+pub mod PieceLists
+pub mod Around
+pub mod Edited
