@@ -3,7 +3,11 @@ pub mod Flat
 pub mod Sound
 pub mod RowRuns
 pub mod OnePiece
+pub mod ShorterKept
+pub mod ShorterPiece
 pub mod TwoLists
 pub mod SectionsCut
 pub mod Typed
 pub mod NextPiece
+pub mod LastPiece
+pub mod EndsAnew

@@ -10,7 +10,7 @@ use Rattle.yl_record.specs.Records.{RecordValue}
 use Rattle.yl_sections.specs.Kept.{KeptValue, rows_kept}
 use Rattle.yl_sections.specs.Local.{begins_section, is_start_at, kind_after, row_total}
 use Rattle.yl_sections.specs.Sections.{is_section_start, sections}
-use Rattle.yl_sections.proofs.SectionStarts.{start_there}
+use Rattle.yl_sections.proofs.SectionStarts.{not_first, start_there}
 use Rattle.yl_rejudge.specs.Places.{changed_sections}
 use Rattle.yl_rejudge.proofs.SectionsEdited.{rows_of_sections}
 use Rattle.yl_pieces.specs.State.{DocumentState}
@@ -37,6 +37,11 @@ begins last (r ∷ rs) e = by last r.entry.lexemes e where
 
 pub start_has_lexeme : (rs : List RecordValue) (i : ℕ) → is_start_at rs i ≡ true → HasLexemeAt rs i
 start_has_lexeme rs i e = begins (kind_after None (take i rs)) (drop i rs) e
+
+-- a section begins below the first row
+start_below : (rs : List RecordValue) (i : ℕ) → is_start_at rs i ≡ true → 0 < i
+start_below rs zero e = let no : true ≡ false = sym e ∙ not_first rs in absurd (cc)
+start_below rs (suc i) e = omega arith
 
 record IsThere (ps : List PieceValue) (i : ℕ) : Type 0 where
   piece : PieceValue
@@ -76,13 +81,17 @@ next_has_lexeme config old ps h i some l = let d = piece_there ps i l in by d.pi
 
 -- what comes after pieces that are replaced begins in the new rows with a row that has a lexeme
 pub around_one : (config : Config) (old new : List RecordValue) (ps : List PieceValue) (h : AreKeptSections config (sections old) ps) (i from old_end end : ℕ)
-    → i < length ps → rows_kept (take i (summaries ps)) ≤ from → old_end ≤ rows_kept (take (i + 1) (summaries ps)) → drop old_end old ≡ drop end new
+    → i < length ps → 0 < rows_kept (take i (summaries ps)) → rows_kept (take i (summaries ps)) ≤ from → from ≤ end
+    → old_end ≤ rows_kept (take (i + 1) (summaries ps)) → drop old_end old ≡ drop end new
     → ArePiecesAround (summaries ps) new from old_end end i (i + 1)
-around_one config old new ps h i from old_end end l first below same = record { first = first; last = by (cases_lt (i + 1) (length ps)) }
+around_one config old new ps h i from old_end end l some first range below same = record { first = first; last = by (cases_lt (i + 1) (length ps)) }
   where
-    by : (i + 1 < length ps) ⊎ (length ps ≤ i + 1) → (i + 1 ≡ length (summaries ps)) ⊎ ((old_end ≤ rows_kept (take (i + 1) (summaries ps))) × HasLexemeAt new (rows_kept (take (i + 1) (summaries ps)) - old_end + end))
+    by : (i + 1 < length ps) ⊎ (length ps ≤ i + 1) → (i + 1 ≡ length (summaries ps))
+        ⊎ ((old_end ≤ rows_kept (take (i + 1) (summaries ps))) × (0 < rows_kept (take (i + 1) (summaries ps)) - old_end + end)
+        × HasLexemeAt new (rows_kept (take (i + 1) (summaries ps)) - old_end + end))
     by (inl m) = inr (
       below,
+      omega (arith, some, first, range),
       subst (λ (rs : List RecordValue). BeginsWithLexeme rs) (same_below old new (rows_kept (take (i + 1) (summaries ps))) old_end end below same)
           (next_has_lexeme config old ps h (i + 1) (omega arith) m),
     )
@@ -95,9 +104,14 @@ pub around_sections : (new : List RecordValue) (ps : List PieceValue) (from old_
 around_sections new ps from old_end end f e here x y x_at low high y_at last = record { first = omega (arith, x_at, low, high); last = by last }
   where
     by : (e ≡ length ps) ⊎ (IsSectionBorder ps e × ((old_end ≤ y) × (is_start_at new (y - old_end + end) ≡ true)))
-        → (e ≡ length (summaries ps)) ⊎ ((old_end ≤ rows_kept (take e (summaries ps))) × HasLexemeAt new (rows_kept (take e (summaries ps)) - old_end + end))
+        → (e ≡ length (summaries ps)) ⊎ ((old_end ≤ rows_kept (take e (summaries ps))) × (0 < rows_kept (take e (summaries ps)) - old_end + end)
+        × HasLexemeAt new (rows_kept (take e (summaries ps)) - old_end + end))
     by (inl w) = inl (omega (arith, w, length-map ps (λ (p : PieceValue). p.kept)))
-    by (inr w) = inr (omega (arith, w.1.0, y_at), subst (λ n. HasLexemeAt new (n - old_end + end)) y_at (start_has_lexeme new (y - old_end + end) w.1.1))
+    by (inr w) = inr (
+      omega (arith, w.1.0, y_at),
+      subst (λ n. 0 < n - old_end + end) y_at (start_below new (y - old_end + end) w.1.1),
+      subst (λ n. HasLexemeAt new (n - old_end + end)) y_at (start_has_lexeme new (y - old_end + end) w.1.1),
+    )
 
 -- ---- the sections that are judged
 

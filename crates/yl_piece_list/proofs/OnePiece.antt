@@ -31,7 +31,7 @@ lexeme_of : (front rest : List RecordValue) (k : KeptValue) (b : Option Document
 lexeme_of front rest k None s h e = absurd (cc)
 lexeme_of front rest k (Some r) s h e = h.1.0
 
-below_rows : (front rest : List RecordValue) (above : List PieceValue) (p : PieceValue) (below : List PieceValue) (s : DocumentState)
+pub below_rows : (front rest : List RecordValue) (above : List PieceValue) (p : PieceValue) (below : List PieceValue) (s : DocumentState)
     → ArePiecesOf front rest (above ++ (p ∷ below)) → p.before ≡ Some s → BeginsWithLexeme (drop (rows_kept (summaries above)) rest)
 below_rows front rest [] p below s h e = lexeme_of front rest p.kept p.before s h.0.before e
 below_rows front rest (q ∷ above) p below s h e =
@@ -90,6 +90,10 @@ module _ (config : Config) (old new : List RecordValue) (ps : List PieceValue) (
   sections_now n alone =
       section_edited w.section front_rows t.front t.own n t.rest back_rows at_section alone.edit fault_none
       ∙ ap (λ (rs : List RecordValue). splice (sections rs) w.section (w.section + 1) ((t.front ++ (n ++ t.rest)) ∷ [])) (sym all_old)
+
+  -- rows stand above the piece
+  pub some_above : 0 < rows_kept (take i (summaries ps))
+  some_above = omega (arith, row_is, length-append front_rows t.front, t.state.some)
 
   -- the piece begins with a row that has a lexeme
   pub lexeme_at : HasLexemeAt old (rows_kept (take i (summaries ps)))

@@ -30,7 +30,7 @@ of_item config [] n k l e = absurd (omega arith)
 of_item config (s ∷ ss) zero k l e = record { rows = s; there = refl; kept = e }
 of_item config (s ∷ ss) (suc n) k l e = let d = of_item config ss n k (omega arith) e in record { rows = d.rows; there = d.there; kept = d.kept }
 
-total_more : (ss : List (List RecordValue)) (n : ℕ) (s : List RecordValue) → slice_get ss n ≡ Some s → row_total (take (suc n) ss) ≡ row_total (take n ss) + length s
+pub total_more : (ss : List (List RecordValue)) (n : ℕ) (s : List RecordValue) → slice_get ss n ≡ Some s → row_total (take (suc n) ss) ≡ row_total (take n ss) + length s
 total_more [] n s e = absurd (cc)
 total_more (r ∷ ss) zero s e = let same : r ≡ s = cc in let long = ap (λ (es : List RecordValue). length es) same in omega (arith, long)
 total_more (r ∷ ss) (suc n) s e = let h = total_more ss n s e in omega (arith, h)

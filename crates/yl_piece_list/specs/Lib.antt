@@ -1,3 +1,4 @@
 pub mod PieceLists
 pub mod Around
 pub mod Edited
+pub mod Anew

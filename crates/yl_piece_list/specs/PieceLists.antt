@@ -12,3 +12,7 @@ pieces_of (k ∷ ks) (b ∷ bs) = record { kept = k; before = b } ∷ pieces_of 
 
 abbrev pub states : List PieceValue → List (Option DocumentState)
 states ps = map (λ p. p.before) ps
+
+-- the state before a piece, if one is kept
+abbrev pub StateBeforeValue : Type 0
+StateBeforeValue = Option DocumentState

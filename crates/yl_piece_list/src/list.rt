@@ -1,16 +1,17 @@
 //! The pieces of all sections of a text.
 
+use crate::state_before::StateBefore;
 use std::alloc::Allocator;
 use std::marker::Model;
 use yl_chunks::Chunks;
-use yl_sections::{DocumentState, Kept};
+use yl_sections::Kept;
 
 /// The pieces of all sections of a text, one section after another: their summaries, and the states
 /// before them. Of the first piece of a section no state is kept. In contracts it is the list of the
 /// pieces.
 pub struct PieceList<'a, A: Allocator> {
     kept: &'a Chunks<Kept<A>, A>,
-    before: &'a Chunks<Option<DocumentState<A>>, A>,
+    before: &'a Chunks<StateBefore<A>, A>,
 }
 
 impl<'a, A: Allocator> Model for PieceList<'a, A> {
@@ -42,7 +43,7 @@ impl<'a, A: Allocator + Copy> PieceList<'a, A> {
     /// not allocate.
     pub fn new(
         kept: &'a Chunks<Kept<A>, A>,
-        before: &'a Chunks<Option<DocumentState<A>>, A>,
+        before: &'a Chunks<StateBefore<A>, A>,
     ) -> PieceList<'a, A>
         requires { length kept.now.items ≡ length before.now.items }
         ensures { result ≡ pieces_of kept.now.items before.now.items }
@@ -65,7 +66,7 @@ impl<'a, A: Allocator + Copy> PieceList<'a, A> {
     }
 
     /// Returns the states before the pieces.
-    pub fn before(&self) -> &'a Chunks<Option<DocumentState<A>>, A>
+    pub fn before(&self) -> &'a Chunks<StateBefore<A>, A>
         ensures { result.now.items ≡ states self.now }
     {
         self.before

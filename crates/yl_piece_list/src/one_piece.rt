@@ -45,7 +45,7 @@ fn gather_old<'a, A: Allocator + Copy>(
 }
 
 /// Returns a copy of a state after rows of a section. The only error is out of memory.
-fn copy_of<A: Allocator + Copy>(
+pub fn copy_of<A: Allocator + Copy>(
     alloc: A,
     config: &Config,
     state: &DocumentState<A>,
@@ -110,6 +110,7 @@ pub fn edit_one<A: Allocator + Copy>(
     requires range { IsRange from end (length records.now) }
     requires few { (length old.now.items < 2 ^ 30) × (length records.now < 2 ^ 30) }
     ensures there { IfOk result (λ r. IfSome r (λ p. at.section < length pieces.now)) }
+    ensures not_first { IfOk result (λ r. IfSome r (λ p. 0 < at.row)) }
     ensures holds { IfOk result (λ r. IfSome r (λ p. old_end ≤ rows_kept (take (at.section + 1) (summaries pieces.now)))) }
     ensures kept { IfOk result (λ r. IfSome r (λ p. AreKeptSections config.now (sections records.now) (splice pieces.now at.section (at.section + 1) (p ∷ [])))) }
 {
@@ -120,7 +121,7 @@ pub fn edit_one<A: Allocator + Copy>(
     if last < old_end || last - old_end + end - at.row > MOST_ROWS {
         return Ok(None);
     }
-    let Some(before) = pieces.before().get(at.section) else {
+    let Some(before) = pieces.before().get(at.section).get() else {
         return Ok(None);
     };
     let kept = pieces.kept().get(at.section);

@@ -1,5 +1,5 @@
 //! Judges the pieces or the sections that an edit changed.
-ghost use Rattle.std.specs.Prelude.{◌≡◌, ◌↔◌, ◌⊎◌, ◌+◌, ◌-◌, ◌<◌, ◌≤◌, ◌^◌, ◌∷◌, ◌++◌, [], ℕ, IsTrue, List, length, map, take, drop, IfOk, OnOk};
+ghost use Rattle.std.specs.Prelude.{◌≡◌, ◌↔◌, ◌⊎◌, ◌+◌, ◌-◌, ◌<◌, ◌≤◌, ◌^◌, ◌∷◌, ◌++◌, [], ℕ, IsTrue, List, Some, length, map, take, drop, slice_get, IfOk, OnOk};
 ghost use Rattle.std.specs.List.{splice};
 ghost use Rattle.yl_text.specs.Store.{IsRange};
 ghost use Rattle.yl_record.specs.Records.{RecordValue};
@@ -9,14 +9,17 @@ ghost use Rattle.yl_sections.specs.Kept.{documents_in, rows_kept};
 ghost use Rattle.yl_sections.specs.Places.{IsAt};
 ghost use Rattle.yl_sections.specs.Sections.{sections};
 ghost use Rattle.yl_rejudge.specs.Places.{AllStay, changed_sections};
-ghost use Rattle.yl_section_pieces.specs.Pieces.{summaries};
+ghost use Rattle.yl_section_pieces.specs.Pieces.{PieceValue, summaries};
 ghost use Rattle.yl_section_pieces.specs.Sections.{AreKeptSections};
-ghost use Rattle.yl_piece_list.specs.Around.{ArePiecesAround, BeginsNoneAnew};
+ghost use Rattle.yl_piece_list.specs.Anew.{AreKeptBehind};
+ghost use Rattle.yl_piece_list.specs.Around.{ArePiecesAround};
 
+use crate::anew::ends_anew;
 use crate::cutting::judge_changed;
 use crate::list::PieceList;
 use crate::one_piece::edit_one;
 use crate::places::{back_of, front_of, new_row};
+use crate::shorter::shorter_piece;
 use std::alloc::{AllocError, Allocator};
 use yl_chunks::{Chunks, Spliced};
 use yl_config::Config;
@@ -57,6 +60,43 @@ fn one_replaced<A: Allocator + Copy>(
     })
 }
 
+/// Returns the piece that comes in place of the piece at the place `last`, of which only the rows
+/// before `from` are left, and the pieces of each section of the rows `from..z`. Counts the
+/// documents of these sections in the meter. The only error is out of memory, or more rows or
+/// lexemes than a `u32` counts.
+fn judge_behind<A: Allocator + Copy>(
+    alloc: A,
+    config: &Config,
+    pieces: &PieceList<'_, A>,
+    records: &Spliced<'_, Record<A>, A>,
+    last: Place,
+    from: usize,
+    z: usize,
+    meter: &mut Meter,
+) -> Result<Vec<SectionPiece<A>, A>, AllocError>
+    requires there { last.section < length pieces.now }
+    requires next { last.section + 1 < 2 ^ 64 }
+    requires ordered { (last.row ≤ from) × (from ≤ z) }
+    requires within { z ≤ length records.now }
+    requires few { length records.now < 2 ^ 30 }
+    requires meter { meter.old.documents + length records.now < 2 ^ 32 - 1 }
+    ensures kept { IfOk result (λ all. (x : PieceValue) → slice_get pieces.now last.section ≡ Some x
+        → AreKeptBehind config.now x (from - last.row) (changed_sections (last.section + 1) from z records.now) all.items) }
+    ensures documents { OnOk result (meter.new.documents ≡ meter.old.documents + documents_in (changed_sections (last.section + 1) from z records.now)) }
+    ensures lines { OnOk result (meter.new.lines ≡ meter.old.lines) }
+{
+    let mut all = Vec::new(alloc);
+    let rows = (from - last.row) as u32;
+    all.push(shorter_piece(alloc, config, pieces, last.section, rows)?)?;
+    let rest = Place {
+        section: last.section + 1,
+        row: from,
+    };
+    let mut judged = judge_changed(alloc, config, records, rest, z, meter)?;
+    all.append(&mut judged)?;
+    Ok(all)
+}
+
 /// Does what `rejudge_pieces` does, but judges the sections that hold one of the rows `from..end`,
 /// from the piece `here` on, unless only values are typed again in one section that is one piece.
 fn rejudge_sections<A: Allocator + Copy>(
@@ -86,7 +126,7 @@ fn rejudge_sections<A: Allocator + Copy>(
     ensures kept { IfOk result (λ r. AreKeptSections config.now (sections records.now) (splice pieces.now r.from r.end r.pieces.items)) }
     ensures around { IfOk result (λ r. ArePiecesAround (summaries pieces.now) records.now from old_end end r.from r.end
         ⊎ AllStay (summaries pieces.now) (summaries r.pieces.items) from old_end end r.from r.end) }
-    ensures documents { OnOk result (BeginsNoneAnew old.now.items records.now from → from < length records.now → (m : ℕ) → end ≤ m + 1
+    ensures documents { OnOk result (TakesNothing old.now.items records.now from → (m : ℕ) → end ≤ m + 1
         → meter.new.documents ≤ meter.old.documents + documents_holding 0 from m (sections records.now)) }
     ensures lines { OnOk result (meter.new.lines ≡ meter.old.lines) }
 {
@@ -104,6 +144,14 @@ fn rejudge_sections<A: Allocator + Copy>(
         });
     }
     let z = new_row(pieces, records.len(), last, old_end, end);
+    if let Some(at) = ends_anew(pieces, old, records, first, from) {
+        let behind = judge_behind(alloc, config, pieces, records, at, from, z, meter)?;
+        return Ok(Rejudged {
+            from: at.section,
+            end: last.section,
+            pieces: behind,
+        });
+    }
     let judged = judge_changed(alloc, config, records, first, z, meter)?;
     Ok(Rejudged {
         from: first.section,
@@ -150,7 +198,7 @@ pub fn rejudge_pieces<A: Allocator + Copy>(
     ensures kept { IfOk result (λ r. AreKeptSections config.now (sections records.now) (splice pieces.now r.from r.end r.pieces.items)) }
     ensures around { IfOk result (λ r. ArePiecesAround (summaries pieces.now) records.now from old_end end r.from r.end
         ⊎ AllStay (summaries pieces.now) (summaries r.pieces.items) from old_end end r.from r.end) }
-    ensures documents { OnOk result (BeginsNoneAnew old.now.items records.now from → from < length records.now → (m : ℕ) → end ≤ m + 1
+    ensures documents { OnOk result (TakesNothing old.now.items records.now from → (m : ℕ) → end ≤ m + 1
         → meter.new.documents ≤ meter.old.documents + documents_holding 0 from m (sections records.now)) }
     ensures lines { OnOk result (meter.new.lines ≡ meter.old.lines) }
 {

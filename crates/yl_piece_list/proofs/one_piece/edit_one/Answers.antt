@@ -11,13 +11,18 @@ use Rattle.yl_section_pieces.specs.Sections.{AreKeptSections}
 use Rattle.yl_piece_list.specs.Edited.{IsEdited}
 use Rattle.yl_piece_list.proofs.TwoLists.{piece_of_parts}
 use Rattle.yl_piece_list.proofs.NextPiece.{rows_after, total_rows}
-use Rattle.yl_piece_list.proofs.OnePiece.{piece_edited}
+use Rattle.yl_piece_list.proofs.OnePiece.{piece_edited, some_above}
 use Rattle.yl_piece_list.proofs.one_piece.edit_one.Goals as goal
 
 weaker : {X E : Type 0} (P Q : X → Type 0) → ((x : X) → P x → Q x) → (r : Result (Option X) E) → IfOk r (λ o. IfSome o P) → IfOk r (λ o. IfSome o Q)
 weaker P Q f (Ok (Some x)) h = f x h
 weaker P Q f (Ok None) h = h
 weaker P Q f (Err e) h = h
+
+always : {X E : Type 0} (P : Type 0) → P → (r : Result (Option X) E) → IfOk r (λ o. IfSome o (λ x. P))
+always P p (Ok (Some x)) = p
+always P p (Ok None) = tt
+always P p (Err e) = tt
 
 pub overflow_add-last : goal.overflow_add-last
 overflow_add-last g c =
@@ -42,6 +47,17 @@ edit_rows-requires-clause-new g c =
       omega (arith, c.rows.ensures, c.requires.at.row, total, rows_front (summaries c.args.pieces.now) (c.args.at.section + 1), same, c.requires.range.within, c.requires.old_range.within, c.if-last-old_end.false),
     )
 
+pub returns-clause-not_first : goal.returns-clause-not_first
+returns-clause-not_first g c =
+    let ps = c.args.pieces.now in
+    let i : ℕ = c.args.at.section in
+    let k = c.get-kept.result.now in
+    let s = c.in-Some.before.now in
+    let kept : slice_get (summaries ps) i ≡ Some k = ap (λ (js : List KeptValue). slice_get js i) (sym c.kept.ensures) ∙ c.get-kept.ensures in
+    let state = ap (λ (bs : List (Option DocumentState)). slice_get bs i) (sym c.before-2.ensures) ∙ (c.get.ensures ∙ ap (λ (b : Option DocumentState). Some b) (sym c.in-Some.ensures)) in
+    let some = some_above c.args.config.now c.args.old.now.items c.args.records.now ps c.requires.kept i k s (piece_of_parts ps i k (Some s) kept state) in
+    always (0 < c.args.at.row) (omega (arith, some, c.requires.at.row)) c.edit_rows.result
+
 pub returns-clause-kept : goal.returns-clause-kept
 returns-clause-kept g c =
     let ps = c.args.pieces.now in
@@ -52,9 +68,9 @@ returns-clause-kept g c =
     let old = c.args.old.now.items in
     let new = c.args.records.now in
     let k = c.get-kept.result.now in
-    let s = c.in-Some.before in
+    let s = c.in-Some.before.now in
     let kept : slice_get (summaries ps) i ≡ Some k = ap (λ (js : List KeptValue). slice_get js i) (sym c.kept.ensures) ∙ c.get-kept.ensures in
-    let state = ap (λ (bs : List (Option DocumentState)). slice_get bs i) (sym c.before-2.ensures) ∙ (c.get.ensures ∙ ap (λ (b : Option DocumentState). Some b) c.in-Some.is) in
+    let state = ap (λ (bs : List (Option DocumentState)). slice_get bs i) (sym c.before-2.ensures) ∙ (c.get.ensures ∙ ap (λ (b : Option DocumentState). Some b) (sym c.in-Some.ensures)) in
     let there = piece_of_parts ps i k (Some s) kept state in
     let inside : i < length (summaries ps) = omega (arith, c.len.ensures, c.if-at-len.false, length-map ps (λ (p : PieceValue). p.kept)) in
     let more = rows_more (summaries ps) i k inside (got (summaries ps) i k kept) in

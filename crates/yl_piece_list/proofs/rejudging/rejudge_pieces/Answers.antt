@@ -5,8 +5,8 @@ use Rattle.yl_sections.specs.Kept.{KeptValue, rows_kept}
 use Rattle.yl_sections.specs.Sections.{sections}
 use Rattle.yl_section_pieces.specs.Pieces.{PieceValue, summaries}
 use Rattle.yl_section_pieces.specs.Sections.{AreKeptSections}
-use Rattle.yl_sections.specs.Holding.{documents_holding}
-use Rattle.yl_piece_list.specs.Around.{ArePiecesAround, BeginsNoneAnew}
+use Rattle.yl_sections.specs.Holding.{TakesNothing, documents_holding}
+use Rattle.yl_piece_list.specs.Around.{ArePiecesAround}
 use Rattle.yl_piece_list.proofs.NextPiece.{around_one}
 use Rattle.yl_piece_list.proofs.rejudging.rejudge_pieces.Goals as goal
 
@@ -38,10 +38,11 @@ returns-in-Some-clause-around g c =
     let ps = c.args.pieces.now in
     let i : ℕ = c.section_of-here.result.section in
     let there = of_some (λ (p : PieceValue). i < length ps) c.in_ok-one.one c.in-Some.piece c.in_ok-one.ensures.there c.in-Some.is in
+    let below = of_some (λ (p : PieceValue). 0 < c.section_of-here.result.row) c.in_ok-one.one c.in-Some.piece c.in_ok-one.ensures.not_first c.in-Some.is in
     let holds = of_some (λ (p : PieceValue). c.args.old_end ≤ rows_kept (take (i + 1) (summaries ps))) c.in_ok-one.one c.in-Some.piece c.in_ok-one.ensures.holds c.in-Some.is in
     let at = c.section_of-here.ensures.at ∙ ap (λ (js : List KeptValue). rows_kept (take i js)) c.kept.ensures in
     let around = around_one c.args.config.now c.args.old.now.items c.args.records.now ps c.requires.kept i c.args.from c.args.old_end c.args.end there
-    (omega (arith, at, c.section_of-here.ensures.row)) holds c.requires.behind in
+    (omega (arith, at, below)) (omega (arith, at, c.section_of-here.ensures.row)) c.requires.range.ordered holds c.requires.behind in
     weaker _ _ (λ r e.
     inl (subst (λ (n : ℕ). ArePiecesAround (summaries ps) c.args.records.now c.args.from c.args.old_end c.args.end n r.end) (sym e.0)
     (subst (λ (n : ℕ). ArePiecesAround (summaries ps) c.args.records.now c.args.from c.args.old_end c.args.end i n) (sym e.1.0) around)))
@@ -49,6 +50,6 @@ returns-in-Some-clause-around g c =
 
 pub returns-in-Some-clause-documents : goal.returns-in-Some-clause-documents
 returns-in-Some-clause-documents g c =
-    always (BeginsNoneAnew c.args.old.now.items c.args.records.now c.args.from → c.args.from < length c.args.records.now → (m : ℕ) → c.args.end ≤ m + 1
+    always (TakesNothing c.args.old.now.items c.args.records.now c.args.from → (m : ℕ) → c.args.end ≤ m + 1
     → c.args.meter.now.documents ≤ c.args.meter.now.documents + documents_holding 0 c.args.from m (sections c.args.records.now))
-    (λ h l m w. omega arith) c.one_replaced.result
+    (λ h m w. omega arith) c.one_replaced.result

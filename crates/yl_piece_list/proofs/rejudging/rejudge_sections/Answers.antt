@@ -1,16 +1,15 @@
-use Rattle.std.proofs.Common.{◌≡◌, ◌<◌, ◌≤◌, ◌+◌, ◌-◌, ◌==◌, ℕ, true, false, List, [], length, take, refl, ap, sym, subst, ◌∙◌, arith, cond, inl, inr}
+use Rattle.std.proofs.Common.{◌≡◌, ◌≤◌, ◌+◌, ◌-◌, ◌==◌, ◌⊎◌, ℕ, List, [], length, take, Option, Some, None, refl, ap, sym, subst, ◌∙◌, arith, cond, inl, inr}
+use Rattle.std.specs.Prelude.{IfNone}
 use Rattle.std.specs.List.{splice}
 use Rattle.std.proofs.lemmas.List.{length-map, take-append-drop, take_all}
 use Rattle.yl_record.specs.Records.{RecordValue}
-use Rattle.yl_sections.specs.Holding.{documents_holding}
 use Rattle.yl_sections.specs.Kept.{documents_in, rows_kept}
 use Rattle.yl_sections.specs.Sections.{sections}
 use Rattle.yl_sections.proofs.KeptRows.{rows_front}
 use Rattle.yl_rejudge.specs.Places.{changed_sections}
-use Rattle.yl_rejudge.proofs.Outcome.{Outcome}
 use Rattle.yl_section_pieces.specs.Pieces.{PieceValue, summaries}
 use Rattle.yl_section_pieces.specs.Sections.{AreKeptSections}
-use Rattle.yl_piece_list.specs.Around.{BeginsNoneAnew}
+use Rattle.yl_piece_list.proofs.EndsAnew.{anew_kept, few_behind, near_taken, piece_above, row_above}
 use Rattle.yl_piece_list.proofs.Flat.{apart, found, put}
 use Rattle.yl_piece_list.proofs.Starts.{start_at}
 use Rattle.yl_piece_list.proofs.Typed.{stays}
@@ -133,21 +132,14 @@ returns-clause-around g c =
     c.front_of-first.ensures.at c.front_of-first.ensures.row c.requires.above c.back_of-last.ensures.at c.back_of-last.ensures.start)
 
 pub returns-then-branch-clause-documents : goal.returns-then-branch-clause-documents
-returns-then-branch-clause-documents g c = λ h l m w. omega arith
+returns-then-branch-clause-documents g c = λ h m w. omega arith
 
--- what is judged holds the rows
-near : (old new : List RecordValue) (p q x z from end n total : ℕ) → Outcome old new p q x z from end → BeginsNoneAnew old new from → from < length new → (m : ℕ) → end ≤ m + 1
-    → n ≡ total + documents_in (changed_sections p x z new) → n ≤ total + documents_holding 0 from m (sections new)
-near old new p q x z from end n total o h l m w e = elim (o.near m w l) [
-  | inl few ↦ omega (arith, e, few)
-  | inr g ↦ elim h [
-    | inl a ↦ let f : true ≡ false = sym a ∙ g.0 in absurd (cc)
-    | inr b ↦ let f : false ≡ true = sym b ∙ g.1.0 in absurd (cc)
-  ]
-]
+none_of : {X : Type 0} (o : Option X) (P : Type 0) → IfNone o P → ((x : X) → o ≡ Some x → ⊥) → P
+none_of None P h not = h
+none_of (Some x) P h not = absurd (not x refl)
 
 pub returns-clause-documents : goal.returns-clause-documents
-returns-clause-documents g c = λ h l m w.
+returns-clause-documents g c = λ h m w.
     let config = c.args.config.now in
     let old = c.args.old.now.items in
     let new = c.args.records.now in
@@ -163,4 +155,147 @@ returns-clause-documents g c = λ h l m w.
     c.back_of-last.ensures.passed c.requires.old_range.ordered c.requires.range.ordered c.requires.range.within c.requires.alike (omega (arith, c.requires.old_range.ordered, c.requires.old_range.within)) in
     let same = same_changed f d.p x z new (λ w. d.p_at ∙ ap (λ n. start_at c.requires.kept.cuts n) w) (λ w. omega (arith, d.p_at, apart config old ps c.requires.kept 0 d.p w d.p_within)) in
     let count = c.in_ok-judged.ensures.documents ∙ ap (λ (ss : List (List RecordValue)). c.args.meter.now.documents + documents_in ss) same in
-    near old new d.p d.q x z c.args.from c.args.end c.judge_changed.new.meter.documents c.args.meter.now.documents d.outcome h l m w count
+    let few = near_taken config old new ps c.requires.kept f e x z c.args.from c.args.end d c.front_of-first.ensures.at h (none_of c.ends_anew.result _ c.ends_anew.ensures.none c.in_default.not-Some) m w in
+    omega (arith, few, count)
+
+-- ---- where the section above ends anew
+
+pub ends_anew-requires-clause-rows : goal.ends_anew-requires-clause-rows
+ends_anew-requires-clause-rows g c = total_rows c.args.config.now c.args.old.now.items c.args.pieces.now c.requires.kept
+
+pub judge_behind-requires-clause-there : goal.judge_behind-requires-clause-there
+judge_behind-requires-clause-there g c = c.in-Some.ensures.last.within
+
+pub judge_behind-requires-clause-next : goal.judge_behind-requires-clause-next
+judge_behind-requires-clause-next g c =
+    let config = c.args.config.now in
+    let old = c.args.old.now.items in
+    let new = c.args.records.now in
+    let ps = c.args.pieces.now in
+    let f : ℕ = c.front_of-first.result.section in
+    let i : ℕ = c.args.here.section in
+    let e : ℕ = c.back_of-last.result.section in
+    let x : ℕ = c.front_of-first.result.row in
+    let z : ℕ = c.new_row-z.result in
+    let d = found config old ps c.requires.kept new f i e c.front_of-first.result.row c.args.here.row c.back_of-last.result.row c.new_row-z.result c.args.from c.args.old_end c.args.end c.requires.before c.requires.behind
+    c.front_of-first.ensures.section (omega (arith, c.requires.here.section, length-map c.args.pieces.now (λ (p : PieceValue). p.kept))) c.back_of-last.ensures.section.0 c.back_of-last.ensures.section.1 c.front_of-first.ensures.at c.requires.here.row c.back_of-last.ensures.at
+    (c.new_row-z.ensures ∙ ap (λ n. cond (e == length ps) n (c.back_of-last.result.row - c.args.old_end + c.args.end)) c.len.ensures) c.front_of-first.ensures.start c.back_of-last.ensures.start c.front_of-first.ensures.passed c.requires.above c.requires.last
+    c.back_of-last.ensures.passed c.requires.old_range.ordered c.requires.range.ordered c.requires.range.within c.requires.alike (omega (arith, c.requires.old_range.ordered, c.requires.old_range.within)) in
+    let high : (e ≡ length ps) ⊎ (c.args.old_end ≤ rows_kept (take e (summaries ps))) = elim c.back_of-last.ensures.start [
+      | inl w ↦ inl w
+      | inr w ↦ inr (omega (arith, w.1.0, c.back_of-last.ensures.at))
+    ] in
+    let low = piece_above config old new ps c.requires.kept f e x z c.args.from c.args.end d c.front_of-first.ensures.at c.in-Some.at.section c.in-Some.at.row c.in-Some.ensures.last c.in-Some.ensures.row c.in-Some.ensures.seen c.args.old_end c.requires.old_range.ordered high in
+    omega (arith, low)
+
+pub judge_behind-requires-clause-ordered : goal.judge_behind-requires-clause-ordered
+judge_behind-requires-clause-ordered g c =
+    let config = c.args.config.now in
+    let old = c.args.old.now.items in
+    let new = c.args.records.now in
+    let ps = c.args.pieces.now in
+    let f : ℕ = c.front_of-first.result.section in
+    let i : ℕ = c.args.here.section in
+    let e : ℕ = c.back_of-last.result.section in
+    let x : ℕ = c.front_of-first.result.row in
+    let z : ℕ = c.new_row-z.result in
+    let d = found config old ps c.requires.kept new f i e c.front_of-first.result.row c.args.here.row c.back_of-last.result.row c.new_row-z.result c.args.from c.args.old_end c.args.end c.requires.before c.requires.behind
+    c.front_of-first.ensures.section (omega (arith, c.requires.here.section, length-map c.args.pieces.now (λ (p : PieceValue). p.kept))) c.back_of-last.ensures.section.0 c.back_of-last.ensures.section.1 c.front_of-first.ensures.at c.requires.here.row c.back_of-last.ensures.at
+    (c.new_row-z.ensures ∙ ap (λ n. cond (e == length ps) n (c.back_of-last.result.row - c.args.old_end + c.args.end)) c.len.ensures) c.front_of-first.ensures.start c.back_of-last.ensures.start c.front_of-first.ensures.passed c.requires.above c.requires.last
+    c.back_of-last.ensures.passed c.requires.old_range.ordered c.requires.range.ordered c.requires.range.within c.requires.alike (omega (arith, c.requires.old_range.ordered, c.requires.old_range.within)) in
+    let low = row_above config old new ps c.requires.kept f e x z c.args.from c.args.end d c.front_of-first.ensures.at c.in-Some.at.section c.in-Some.at.row c.in-Some.ensures.last c.in-Some.ensures.row c.in-Some.ensures.seen in
+    (omega (arith, low), d.outcome.anew c.in-Some.ensures.seen.start c.in-Some.ensures.seen.before)
+
+pub judge_behind-requires-clause-within : goal.judge_behind-requires-clause-within
+judge_behind-requires-clause-within g c =
+    let config = c.args.config.now in
+    let old = c.args.old.now.items in
+    let new = c.args.records.now in
+    let ps = c.args.pieces.now in
+    let f : ℕ = c.front_of-first.result.section in
+    let i : ℕ = c.args.here.section in
+    let e : ℕ = c.back_of-last.result.section in
+    let x : ℕ = c.front_of-first.result.row in
+    let z : ℕ = c.new_row-z.result in
+    let d = found config old ps c.requires.kept new f i e c.front_of-first.result.row c.args.here.row c.back_of-last.result.row c.new_row-z.result c.args.from c.args.old_end c.args.end c.requires.before c.requires.behind
+    c.front_of-first.ensures.section (omega (arith, c.requires.here.section, length-map c.args.pieces.now (λ (p : PieceValue). p.kept))) c.back_of-last.ensures.section.0 c.back_of-last.ensures.section.1 c.front_of-first.ensures.at c.requires.here.row c.back_of-last.ensures.at
+    (c.new_row-z.ensures ∙ ap (λ n. cond (e == length ps) n (c.back_of-last.result.row - c.args.old_end + c.args.end)) c.len.ensures) c.front_of-first.ensures.start c.back_of-last.ensures.start c.front_of-first.ensures.passed c.requires.above c.requires.last
+    c.back_of-last.ensures.passed c.requires.old_range.ordered c.requires.range.ordered c.requires.range.within c.requires.alike (omega (arith, c.requires.old_range.ordered, c.requires.old_range.within)) in
+    d.outcome.within
+
+pub returns-in-Some-clause-range : goal.returns-in-Some-clause-range
+returns-in-Some-clause-range g c =
+    let config = c.args.config.now in
+    let old = c.args.old.now.items in
+    let new = c.args.records.now in
+    let ps = c.args.pieces.now in
+    let f : ℕ = c.front_of-first.result.section in
+    let i : ℕ = c.args.here.section in
+    let e : ℕ = c.back_of-last.result.section in
+    let x : ℕ = c.front_of-first.result.row in
+    let z : ℕ = c.new_row-z.result in
+    let d = found config old ps c.requires.kept new f i e c.front_of-first.result.row c.args.here.row c.back_of-last.result.row c.new_row-z.result c.args.from c.args.old_end c.args.end c.requires.before c.requires.behind
+    c.front_of-first.ensures.section (omega (arith, c.requires.here.section, length-map c.args.pieces.now (λ (p : PieceValue). p.kept))) c.back_of-last.ensures.section.0 c.back_of-last.ensures.section.1 c.front_of-first.ensures.at c.requires.here.row c.back_of-last.ensures.at
+    (c.new_row-z.ensures ∙ ap (λ n. cond (e == length ps) n (c.back_of-last.result.row - c.args.old_end + c.args.end)) c.len.ensures) c.front_of-first.ensures.start c.back_of-last.ensures.start c.front_of-first.ensures.passed c.requires.above c.requires.last
+    c.back_of-last.ensures.passed c.requires.old_range.ordered c.requires.range.ordered c.requires.range.within c.requires.alike (omega (arith, c.requires.old_range.ordered, c.requires.old_range.within)) in
+    let high : (e ≡ length ps) ⊎ (c.args.old_end ≤ rows_kept (take e (summaries ps))) = elim c.back_of-last.ensures.start [
+      | inl w ↦ inl w
+      | inr w ↦ inr (omega (arith, w.1.0, c.back_of-last.ensures.at))
+    ] in
+    let low = piece_above config old new ps c.requires.kept f e x z c.args.from c.args.end d c.front_of-first.ensures.at c.in-Some.at.section c.in-Some.at.row c.in-Some.ensures.last c.in-Some.ensures.row c.in-Some.ensures.seen c.args.old_end c.requires.old_range.ordered high in
+    record { ordered = omega (arith, low); within = c.back_of-last.ensures.section.1 }
+
+pub returns-in-Some-clause-kept : goal.returns-in-Some-clause-kept
+returns-in-Some-clause-kept g c =
+    let config = c.args.config.now in
+    let old = c.args.old.now.items in
+    let new = c.args.records.now in
+    let ps = c.args.pieces.now in
+    let f : ℕ = c.front_of-first.result.section in
+    let i : ℕ = c.args.here.section in
+    let e : ℕ = c.back_of-last.result.section in
+    let x : ℕ = c.front_of-first.result.row in
+    let z : ℕ = c.new_row-z.result in
+    let d = found config old ps c.requires.kept new f i e c.front_of-first.result.row c.args.here.row c.back_of-last.result.row c.new_row-z.result c.args.from c.args.old_end c.args.end c.requires.before c.requires.behind
+    c.front_of-first.ensures.section (omega (arith, c.requires.here.section, length-map c.args.pieces.now (λ (p : PieceValue). p.kept))) c.back_of-last.ensures.section.0 c.back_of-last.ensures.section.1 c.front_of-first.ensures.at c.requires.here.row c.back_of-last.ensures.at
+    (c.new_row-z.ensures ∙ ap (λ n. cond (e == length ps) n (c.back_of-last.result.row - c.args.old_end + c.args.end)) c.len.ensures) c.front_of-first.ensures.start c.back_of-last.ensures.start c.front_of-first.ensures.passed c.requires.above c.requires.last
+    c.back_of-last.ensures.passed c.requires.old_range.ordered c.requires.range.ordered c.requires.range.within c.requires.alike (omega (arith, c.requires.old_range.ordered, c.requires.old_range.within)) in
+    anew_kept config old new ps c.requires.kept f e x z c.args.from c.args.end d c.front_of-first.ensures.at c.in-Some.at.section c.in-Some.at.row c.in-Some.ensures.last c.in-Some.ensures.row c.in-Some.ensures.seen c.requires.before c.in_ok-behind.behind.items c.in_ok-behind.ensures.kept
+
+pub returns-in-Some-clause-around : goal.returns-in-Some-clause-around
+returns-in-Some-clause-around g c =
+    let config = c.args.config.now in
+    let old = c.args.old.now.items in
+    let new = c.args.records.now in
+    let ps = c.args.pieces.now in
+    let f : ℕ = c.front_of-first.result.section in
+    let i : ℕ = c.args.here.section in
+    let e : ℕ = c.back_of-last.result.section in
+    let x : ℕ = c.front_of-first.result.row in
+    let z : ℕ = c.new_row-z.result in
+    let d = found config old ps c.requires.kept new f i e c.front_of-first.result.row c.args.here.row c.back_of-last.result.row c.new_row-z.result c.args.from c.args.old_end c.args.end c.requires.before c.requires.behind
+    c.front_of-first.ensures.section (omega (arith, c.requires.here.section, length-map c.args.pieces.now (λ (p : PieceValue). p.kept))) c.back_of-last.ensures.section.0 c.back_of-last.ensures.section.1 c.front_of-first.ensures.at c.requires.here.row c.back_of-last.ensures.at
+    (c.new_row-z.ensures ∙ ap (λ n. cond (e == length ps) n (c.back_of-last.result.row - c.args.old_end + c.args.end)) c.len.ensures) c.front_of-first.ensures.start c.back_of-last.ensures.start c.front_of-first.ensures.passed c.requires.above c.requires.last
+    c.back_of-last.ensures.passed c.requires.old_range.ordered c.requires.range.ordered c.requires.range.within c.requires.alike (omega (arith, c.requires.old_range.ordered, c.requires.old_range.within)) in
+    let low = row_above config old new ps c.requires.kept f e x z c.args.from c.args.end d c.front_of-first.ensures.at c.in-Some.at.section c.in-Some.at.row c.in-Some.ensures.last c.in-Some.ensures.row c.in-Some.ensures.seen in
+    let row : ℕ = c.in-Some.at.row in
+    inl (around_sections c.args.records.now c.args.pieces.now c.args.from c.args.old_end c.args.end c.in-Some.at.section c.back_of-last.result.section row row c.back_of-last.result.row
+    c.in-Some.ensures.row (omega arith) (omega (arith, low)) c.back_of-last.ensures.at c.back_of-last.ensures.start)
+
+pub returns-in-Some-clause-documents : goal.returns-in-Some-clause-documents
+returns-in-Some-clause-documents g c = λ h m w.
+    let config = c.args.config.now in
+    let old = c.args.old.now.items in
+    let new = c.args.records.now in
+    let ps = c.args.pieces.now in
+    let f : ℕ = c.front_of-first.result.section in
+    let i : ℕ = c.args.here.section in
+    let e : ℕ = c.back_of-last.result.section in
+    let x : ℕ = c.front_of-first.result.row in
+    let z : ℕ = c.new_row-z.result in
+    let d = found config old ps c.requires.kept new f i e c.front_of-first.result.row c.args.here.row c.back_of-last.result.row c.new_row-z.result c.args.from c.args.old_end c.args.end c.requires.before c.requires.behind
+    c.front_of-first.ensures.section (omega (arith, c.requires.here.section, length-map c.args.pieces.now (λ (p : PieceValue). p.kept))) c.back_of-last.ensures.section.0 c.back_of-last.ensures.section.1 c.front_of-first.ensures.at c.requires.here.row c.back_of-last.ensures.at
+    (c.new_row-z.ensures ∙ ap (λ n. cond (e == length ps) n (c.back_of-last.result.row - c.args.old_end + c.args.end)) c.len.ensures) c.front_of-first.ensures.start c.back_of-last.ensures.start c.front_of-first.ensures.passed c.requires.above c.requires.last
+    c.back_of-last.ensures.passed c.requires.old_range.ordered c.requires.range.ordered c.requires.range.within c.requires.alike (omega (arith, c.requires.old_range.ordered, c.requires.old_range.within)) in
+    let few = few_behind config old new ps c.requires.kept f e x z c.args.from c.args.end d c.front_of-first.ensures.at c.in-Some.at.section c.in-Some.at.row c.in-Some.ensures.last c.in-Some.ensures.row c.in-Some.ensures.seen m w in
+    omega (arith, few, c.in_ok-behind.ensures.documents)
