@@ -77,7 +77,7 @@ none_in : (t : List (List ℕ)) (i : ℕ) (r : RecordValue) → slice_get (recor
 none_in t i r h x =
     none_read true 0 0 no_surroundings t i r.entry (ap (λ (es : List RowEntry). slice_get es i) (run-entries t) ∙ entry_there (map indentation t) (entries t) i r h) x
 
-none_held : (t : List (List ℕ)) (cut : Option ℕ) (rs : List RecordValue) → AreHeld t cut rs → (i : ℕ) (r : RecordValue) → slice_get rs i ≡ Some r → slice_get t i ≡ Some [] → r.entry.lexemes ≡ []
+pub none_held : (t : List (List ℕ)) (cut : Option ℕ) (rs : List RecordValue) → AreHeld t cut rs → (i : ℕ) (r : RecordValue) → slice_get rs i ≡ Some r → slice_get t i ≡ Some [] → r.entry.lexemes ≡ []
 none_held t None rs held i r h x = none_in t i r (ap (λ (us : List RecordValue). slice_get us i) (sym held) ∙ h) x
 none_held t (Some n) rs held i r h x = elim (cases_lt i n) [
   | inl l ↦ none_in t i r (sym (got_in_front rs (records t) n i held.front l) ∙ h) x

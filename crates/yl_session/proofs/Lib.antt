@@ -10,3 +10,6 @@ mod Parts
 pub mod Between
 pub mod Goes
 pub mod Nothing
+pub mod OfPieces
+pub mod ApartPieces
+pub mod PiecesSpliced

@@ -1,5 +1,5 @@
 //! Computes the state that a session keeps of a text when it opens it.
-ghost use Rattle.std.specs.Prelude.{◌≡◌, IfOk};
+ghost use Rattle.std.specs.Prelude.{◌≡◌, None, length, replicate, IfOk};
 ghost use Rattle.yl_text.specs.Store.{AreLines};
 ghost use Rattle.yl_lint.specs.TextReport.{records_of};
 ghost use Rattle.yl_lint.specs.Computed.{kept_of_text};
@@ -7,8 +7,8 @@ ghost use Rattle.yl_problem_lists.specs.Changes.{parts_in};
 ghost use Rattle.yl_summary.specs.Overview.{AreOverviews};
 ghost use Rattle.yl_found.specs.Found.{all_parts};
 
+use crate::pieces::{KnownPieces, known_of};
 use crate::reading::{in_chunks, read};
-use crate::sections::{KnownSections, known_of};
 use std::alloc::{AllocError, Allocator};
 use yl_chunks::Chunks;
 use yl_config::Config;
@@ -24,7 +24,7 @@ pub struct OpenedText<A: Allocator> {
     /// The record of each row.
     pub records: Chunks<Record<A>, A>,
     /// The summaries of the sections and their overviews.
-    pub known: KnownSections<A>,
+    pub known: KnownPieces<A>,
     /// All findings in the text.
     pub found: FoundProblems<A>,
 }
@@ -38,6 +38,7 @@ pub fn begin<S: LineStore>(
     requires { AreLines (S.rows store.now) }
     ensures records { IfOk result (λ b. b.records.items ≡ records_of (S.rows store.now)) }
     ensures kept { IfOk result (λ b. b.known.kept.items ≡ kept_of_text config.now (S.rows store.now)) }
+    ensures before { IfOk result (λ b. b.known.before.items ≡ replicate (length b.known.kept.items) None) }
     ensures overviews { IfOk result (λ b. AreOverviews b.known.kept.items b.known.overviews.items) }
     ensures found { IfOk result (λ b. parts_in b.found ≡ all_parts config.now (S.rows store.now) b.known.kept.items) }
 {

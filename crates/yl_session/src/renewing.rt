@@ -11,13 +11,12 @@ ghost use Rattle.yl_session.specs.Known.{AreOverviewsAfter};
 ghost use Rattle.yl_session.specs.Parts.{Makes};
 ghost use Rattle.yl_session.specs.Touched.{IsEditOf, IsTouching};
 
-use crate::sections::KnownSections;
+use crate::pieces::{KnownPieces, NewPieces};
 use std::alloc::{AllocError, Allocator};
 use yl_config::Config;
 use yl_edited_lines::{TextEdit, reads_alike};
 use yl_patch::patched_problems;
 use yl_problem_lists::Change;
-use yl_rejudge::Rejudged;
 use yl_summary::{Overview, SectionEdit};
 use yl_text::LineStore;
 
@@ -33,8 +32,8 @@ pub struct Renewal<A: Allocator> {
 /// Returns the edit of the sections. If all sections stay, returns an edit that replaces the
 /// section of the edited lines by itself, so that the problems are looked for in its lines.
 fn section_edit<'a, A: Allocator + Copy>(
-    known: &'a KnownSections<A>,
-    new: &'a Rejudged<A>,
+    known: &'a KnownPieces<A>,
+    new: &'a NewPieces<A>,
 ) -> SectionEdit<'a, A>
     requires range { IsRange new.now.from new.now.end (length known.now.kept.items) }
     requires stay { new.now.kept.items ≡ [] → (new.now.from ≡ new.now.end) × (new.now.from < length known.now.kept.items) }
@@ -77,8 +76,8 @@ pub fn renewal_of<S: LineStore>(
     alloc: S::Alloc,
     config: &Config,
     text: &TextEdit<'_, S>,
-    known: &KnownSections<S::Alloc>,
-    new: &Rejudged<S::Alloc>,
+    known: &KnownPieces<S::Alloc>,
+    new: &NewPieces<S::Alloc>,
 ) -> Result<Renewal<S::Alloc>, AllocError>
     requires text { IsTextEdit (S.rows text.now.store.now) text.now.a text.now.b text.now.rows.now }
     requires range { IsRange new.now.from new.now.end (length known.now.kept.items) }

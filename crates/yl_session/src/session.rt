@@ -12,9 +12,9 @@ ghost use Rattle.yl_session.specs.Runs.{IsNothing};
 ghost use Rattle.yl_session.specs.Work.{IsWork};
 
 use crate::beginning::{OpenedText, begin};
+use crate::pieces::{KnownPieces, put_pieces};
 use crate::planning::{make_room, planned};
 use crate::renewing::Renewal;
-use crate::sections::{KnownSections, put_kept};
 use crate::work::Work;
 use std::alloc::{AllocError, Allocator};
 use std::marker::Model;
@@ -29,12 +29,12 @@ use yl_text::{LineStore, Lines, Pos, Row, TextFault, are_one_place, line_edit, s
 
 /// A text that is kept open, with its report under a configuration.
 ///
-/// A session keeps the lines of the text, a record of each line, the summaries of its sections and
-/// their overviews, and all findings. The findings are split into those that the report shows and
+/// A session keeps the lines of the text, a record of each line, the pieces of its sections and their
+/// overviews, and all findings. The findings are split into those that the report shows and
 /// those that its first fault and its comments hide. If `cut` is a row, the records from this row
 /// on stand after a scan fault, after which nothing is read. They are as they were before the
-/// fault, so that they need not be made again once the fault is removed. The summaries of the
-/// sections belong to these records. The report shows nothing of the sections after a fault.
+/// fault, so that they need not be made again once the fault is removed. The pieces belong to
+/// these records. The report shows nothing of the sections after a fault.
 #[derive(Drop)]
 pub struct Session<S: LineStore> {
     alloc: S::Alloc,
@@ -42,16 +42,17 @@ pub struct Session<S: LineStore> {
     store: S,
     records: Chunks<Record<S::Alloc>, S::Alloc>,
     cut: Option<usize>,
-    known: KnownSections<S::Alloc>,
+    known: KnownPieces<S::Alloc>,
     found: FoundProblems<S::Alloc>,
 }
 
 impl<S: LineStore> Model for Session<S> {
-    ghost use Rattle.std.specs.Prelude.{◌≡◌, map};
+    ghost use Rattle.std.specs.Prelude.{◌≡◌, length};
     ghost use Rattle.yl_session.specs.State.{SessionValue};
     ghost use Rattle.yl_record.specs.Records.{characters_in};
-    ghost use Rattle.yl_sections.specs.Judge.{kept_of_section};
     ghost use Rattle.yl_sections.specs.Sections.{sections};
+    ghost use Rattle.yl_section_pieces.specs.Sections.{AreKeptSections};
+    ghost use Rattle.yl_piece_list.specs.PieceLists.{pieces_of};
     ghost use Rattle.yl_rescan.specs.Held.{AreHeld};
     ghost use Rattle.yl_lint.specs.Computed.{report};
     ghost use Rattle.yl_problem_lists.specs.Changes.{parts_in};
@@ -65,10 +66,11 @@ impl<S: LineStore> Model for Session<S> {
 
     ghost invariant = { λ s. AreLines (S.rows s.store)
         × AreHeld (characters_in (S.rows s.store)) s.cut s.records.items
-        × (s.known.kept.items ≡ map (kept_of_section s.config) (sections s.records.items))
+        × AreKeptSections s.config (sections s.records.items) (pieces_of s.known.kept.items s.known.before.items)
         × (s.found.shown.items ≡ report s.config (S.rows s.store))
         × AreOverviews s.known.kept.items s.known.overviews.items
-        × (parts_in s.found ≡ all_parts s.config (S.rows s.store) s.known.kept.items) };
+        × (parts_in s.found ≡ all_parts s.config (S.rows s.store) s.known.kept.items)
+        × (length s.known.kept.items ≡ length s.known.before.items) };
 }
 
 impl<S: LineStore> Session<S> {
@@ -200,7 +202,7 @@ impl<S: LineStore> Session<S> {
         let spare = make_room(
             self.alloc,
             &mut self.records,
-            &mut self.known.kept,
+            &mut self.known,
             &mut self.found,
             &plan,
         )?;
@@ -212,7 +214,7 @@ impl<S: LineStore> Session<S> {
         );
         self.cut = plan.rescan.cut;
         let Renewal { change, overviews } = plan.renewal;
-        put_kept(&mut self.known, &mut plan.rejudged, overviews);
+        put_pieces(&mut self.known, &mut plan.rejudged, overviews);
         self.found.renew(change, spare);
         Ok(plan.work)
     }
